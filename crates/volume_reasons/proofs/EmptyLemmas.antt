@@ -35,7 +35,7 @@ stands-empty config volumes is are = record { state = empty_under config; lawful
 
 -- What it tells.
 
-stopped : (s : DeskState) (config : Configuration) (alloc : Alloc) (classes : Classes) (stop : Stop) → is_done stop ≡ false → case_text s (answer_of stop classes ⊳ λ done. space_case alloc config done) ≡ []
+stopped : (s : DeskState) (config : Configuration) (alloc : Alloc) (classes : Classes) (stop : Stop) → is_done stop ≡ false → case_text s (answer_of stop classes ⊳ λ classified. space_case alloc config classified) ≡ []
 stopped s config alloc classes stops.Done off = absurd cc
 stopped s config alloc classes stops.Unmanaged off = refl
 stopped s config alloc classes (stops.Exit kind code) off = refl
@@ -43,7 +43,7 @@ stopped s config alloc classes (stops.Unknown kind name) off = refl
 stopped s config alloc classes stops.NoGroup off = refl
 
 done : (s : DeskState) (config : Configuration) (alloc : Alloc) (classes : Classes) (stop : Stop) → is_done stop ≡ true
-    → case_text s (answer_of stop classes ⊳ λ done. space_case alloc config done) ≡ case_text s (space_case alloc config classes)
+    → case_text s (answer_of stop classes ⊳ λ classified. space_case alloc config classified) ≡ case_text s (space_case alloc config classes)
 done s config alloc classes stops.Done on = refl
 done s config alloc classes stops.Unmanaged on = absurd cc
 done s config alloc classes (stops.Exit kind code) on = absurd cc

@@ -54,7 +54,7 @@ granted-by s job alloc wish reply after case rule =
     subst (λ (made : Result Wish Reply). MatchResult made (λ w. GrantRule s alloc w reply after) (λ answer. Leaves s answer reply after)) case rule
 
 none-lawful : (s : DeskState) (alloc : Alloc) (wish : Wish) (reply : Reply) (after : DeskState) → GrantRule s alloc wish reply after → none_is_left (views_of s wish) (wanted_by wish) ≡ true → reply ≡ replies.NoVolume (trace_of wish.classes)
-none-lawful s alloc wish reply after (inl rejected) none = rejected.1.reply_is
+none-lawful s alloc wish reply after (inl rejected) none = let leaves = rejected.1 in leaves.reply_is
 none-lawful s alloc wish reply after (inr chosen) none =
     let may = chosen.may in
     let some : none_is_left (views_of s wish) (wanted_by wish) ≡ false = all-off (λ (view : VolView). is_rejected (listing_of view (wanted_by wish))) (views_of s wish) chosen.position may.view may.there may.listed in
@@ -100,7 +100,7 @@ barred-volume statuses.QuiAll is = refl
 barred-volume statuses.QuiNew is = refl
 
 -- the reason of a volume in the list of these tests
-listed : (group volume fits few suits : Bool) → Listing
+abbrev listed : Bool → Bool → Bool → Bool → Bool → Listing
 listed group volume fits few suits =
     if group then Rejected Group else (if volume then Rejected Volume else (if not fits then Rejected Room else (if few then Tertiary else (if suits then Primary else Secondary))))
 
@@ -120,7 +120,7 @@ hindered view want true true false true g v o w off = absurd cc
 hindered view want true true false false g v o w off = past ((view.granted + want.need) * 100) (view.high * view.capacity) w
 
 -- the reason why a volume stands in this list holds
-ReasonHolds : Listing → VolView → Want → Type 0
+abbrev ReasonHolds : Listing → VolView → Want → Type 0
 ReasonHolds list view want = (reason : Reason) → reason_in list view ≡ Some reason → HoldsOf reason view want
 
 one-holds : (view : VolView) (want : Want) (one reason : Reason) → Some one ≡ Some reason → HoldsOf one view want → HoldsOf reason view want

@@ -42,8 +42,8 @@ pub fn asked_for<'a>(
 fn tiers_of<'a>(config: &Config, values: &'a Values) -> &'a [Name]
     ensures value { (allocation : Allocation) (classes : Classes) (space : Quantities) →
         classes.values ≡ values.entry.now →
-        result.entry.now ≡ tiers_of (wish_with allocation config.now classes space) }
-    ensures few { length result.entry.now ≤ most_groups_set }
+        result.now ≡ tiers_of (wish_with allocation config.now classes space) }
+    ensures few { length result.now ≤ most_groups_set }
 {
     if has_tiers(config, &values.storclas) {
         values.groups.as_slice()

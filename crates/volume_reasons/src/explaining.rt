@@ -6,18 +6,18 @@ ghost use Rattle.desk_law.specs.Candidates.{view_of, want_of};
 ghost use Rattle.desk_law.specs.Classification.{Classes};
 ghost use Rattle.desk_law.specs.Lawful.{IsLawful};
 ghost use Rattle.desk_law.specs.State.{DeskState};
+ghost use Rattle.desk_law.specs.Volumes.{volumes_in};
 ghost use Rattle.sms_explain.specs.Picking.{is_picked};
 ghost use Rattle.sms_script.specs.Script.{items_of};
 ghost use Rattle.sms_simulation.specs.Simulation.{alloc_of};
 ghost use Rattle.sms_volumes.specs.Asking.{IsAsked, ask_of};
 ghost use Rattle.sms_volumes.specs.Holding.{AreVolumesOf, StandForSome};
-ghost use Rattle.sms_volumes.specs.Viewing.{candidates_in};
-ghost use Rattle.sms_volumes.specs.declared.candidates.Candidates.TheVariants.{Listed};
 ghost use Rattle.volume_reasons.specs.EmptyDesk.{empty_under};
 ghost use Rattle.volume_reasons.specs.Explained.{IsVolumesExplained, case_text, told_with_volumes, volumes_if};
 ghost use Rattle.volume_reasons.specs.Explained.{volumes_text};
 ghost use Rattle.volume_reasons.specs.Inner.Stops.{is_done};
 ghost use Rattle.volume_reasons.specs.Inner.Under.{IsVolumesExplainedUnder};
+ghost use Rattle.volume_reasons.specs.Inner.Views.{is_listed};
 ghost use Rattle.volume_reasons.specs.VolumesText.{views_text};
 
 use crate::asking::{asked_for, want_of};
@@ -34,7 +34,7 @@ use sms_deck::read_deck;
 use sms_explain::{DeckSources, picked_items, push_item, sources_of};
 use sms_script::{Item, Script};
 use sms_simulation::{Simulated, all_items, first_other};
-use sms_volumes::{ActiveVolumes, Asked, Candidates};
+use sms_volumes::{ActiveVolumes, Asked};
 use std::alloc::{AllocError, Global};
 
 /// What the routines of the deck that the script's first item activates do with each of the allocations behind it that
@@ -183,7 +183,8 @@ fn push_item_volumes(
     match &item.request.op {
         Op::Alloc(allocation) => {
             let job = &item.request.job;
-            push_candidates(alloc, text, config, volumes, job, allocation.get(), slate)
+            push_candidates(alloc, text, config, volumes, job, allocation.get(), slate)?;
+            Ok(())
         }
         _ => Ok(()),
     }
@@ -207,7 +208,8 @@ fn push_candidates(
     if !is_done(classified.stop) {
         return Ok(());
     }
-    push_done(alloc, text, config, volumes, allocation, &classified.values)
+    push_done(alloc, text, config, volumes, allocation, &classified.values)?;
+    Ok(())
 }
 
 // Whether nothing stopped a classification.
@@ -239,9 +241,13 @@ fn push_done(
     match space_of(allocation, data_class_of(config, &values.dataclas)) {
         Some(space) => {
             let asked = asked_for(config, allocation, values, space);
-            push_listed(alloc, text, volumes, groups, &asked)
+            push_listed(alloc, text, volumes, groups, &asked)?;
+            Ok(())
         }
-        None => text.extend_from_slice(b"  NO QUANTITY\n"),
+        None => {
+            text.extend_from_slice(b"  NO QUANTITY\n")?;
+            Ok(())
+        }
     }
 }
 
@@ -257,8 +263,10 @@ fn push_listed(
     requires stand { StandForSome volumes.now }
     ensures { OnOk result ((s : DeskState) → IsLawful s → AreVolumesOf s volumes.now →
         text.new.items ≡ text.old.items ++ views_text
-        (map (view_of s (ask_of asked.now)) (candidates_in s (Listed groups))) (want_of (ask_of asked.now))) }
+        (map (view_of s (ask_of asked.now)) (filter (is_listed groups.now) (volumes_in s.active)))
+        (want_of (ask_of asked.now))) }
 {
-    let views = views_of(alloc, volumes, &Candidates::Listed(groups), asked)?;
-    push_views(text, &views, &want_of(asked))
+    let views = views_of(alloc, volumes, groups, asked)?;
+    push_views(text, &views, &want_of(asked))?;
+    Ok(())
 }

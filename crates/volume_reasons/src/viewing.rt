@@ -1,45 +1,47 @@
 //! The candidate volumes as they stand.
-ghost use Rattle.std.specs.Prelude.{◌≡◌, ◌≤◌, ◌<◌, ◌++◌, ◌∷◌, [], Some, length, map, slice_get, IfOk, OnOk};
+ghost use Rattle.std.specs.Prelude.{◌≡◌, ◌≤◌, ◌<◌, ◌++◌, ◌∷◌, [], Some, bytes_eq, filter, length, map, slice_get};
+ghost use Rattle.std.specs.Prelude.{IfOk, OnOk};
+ghost use Rattle.std.specs.List.{list_any};
 ghost use Rattle.desk_common.specs.Limits.{most_groups_set};
 ghost use Rattle.desk_law.specs.Candidates.{tier_among, view_of};
 ghost use Rattle.desk_law.specs.Lawful.{IsLawful};
 ghost use Rattle.desk_law.specs.State.{DeskState};
+ghost use Rattle.desk_law.specs.Volumes.{volumes_in};
 ghost use Rattle.sms_volumes.specs.Asking.{IsAsked, ask_of};
 ghost use Rattle.sms_volumes.specs.Holding.{AreVolumesOf, StandForSome};
-ghost use Rattle.sms_volumes.specs.Viewing.{candidates_in};
 ghost use Rattle.sms_volumes.specs.declared.active_volume.ActiveVolume.{ActiveVolume as Running};
-ghost use Rattle.volume_reasons.specs.Inner.Views.{candidates_in_some, view_as};
+ghost use Rattle.volume_reasons.specs.Inner.Views.{is_listed, listed_among, view_as};
 
 use dsn_mask::Name;
-use sms_volumes::{ActiveGroup, ActiveVolume, ActiveVolumes, Asked, Candidates};
+use sms_volumes::{ActiveGroup, ActiveVolume, ActiveVolumes, Asked};
 use std::alloc::{AllocError, Global};
 use volume_lists::VolView;
 
-/// The candidates as they stand when one is to be chosen for what is asked.
+/// The volumes of these storage groups as they stand when one is to be chosen for what is asked.
 pub fn views_of(
     alloc: Global,
     volumes: &ActiveVolumes,
-    candidates: &Candidates<'_>,
+    groups: &[Name],
     asked: &Asked<'_>,
 ) -> Result<Vec<VolView>, AllocError>
     requires asked { IsAsked asked.now }
     requires stand { StandForSome volumes.now }
     ensures { IfOk result (λ views. (s : DeskState) → IsLawful s → AreVolumesOf s volumes.now →
-        views.items ≡ map (view_of s (ask_of asked.now)) (candidates_in s candidates.now)) }
+        views.items ≡ map (view_of s (ask_of asked.now)) (filter (is_listed groups.now) (volumes_in s.active))) }
 {
     let mut views = Vec::new(alloc);
     for place in 0..volumes.volumes.len() {
-        look_at(&mut views, volumes, place, candidates, asked)?;
+        look_at(&mut views, volumes, place, groups, asked)?;
     }
     Ok(views)
 }
 
-// Puts the volume at a place behind the others, where it is a candidate.
+// Puts the volume at a place behind the others, where it is one of these storage groups.
 fn look_at(
     views: &mut Vec<VolView>,
     volumes: &ActiveVolumes,
     place: usize,
-    candidates: &Candidates<'_>,
+    groups: &[Name],
     asked: &Asked<'_>,
 ) -> Result<(), AllocError>
     requires place { place < length volumes.now.volumes.items }
@@ -48,9 +50,9 @@ fn look_at(
     ensures { OnOk result ((s : DeskState) (volume : Running) → IsLawful s → AreVolumesOf s volumes.now →
         slice_get volumes.now.volumes.items place ≡ Some volume →
         views.new.items ≡ views.old.items ++
-        map (view_of s (ask_of asked.now)) (candidates_in_some candidates.now (volume ∷ []))) }
+        map (view_of s (ask_of asked.now)) (listed_among groups.now (volume ∷ []))) }
 {
-    if !candidates.has(&volumes.volumes[place].volume) {
+    if !is_listed(groups, volumes.volumes[place].volume.group.bytes()) {
         return Ok(());
     }
     let Some(view) = view_at(volumes, place, asked) else {
@@ -58,6 +60,12 @@ fn look_at(
     };
     views.push(view)?;
     Ok(())
+}
+
+fn is_listed(groups: &[Name], name: &[u8]) -> bool
+    ensures { result ≡ list_any (bytes_eq name.now) groups.now }
+{
+    groups.iter().any(|group| name == group.bytes())
 }
 
 // The volume at a place as it stands; there is its storage group.

@@ -1,12 +1,11 @@
 -- A running volume as the lists see it.
-use Rattle.std.specs.Prelude.{◌-◌, Bool, List, filter, map}
+use Rattle.std.specs.Prelude.{◌-◌, ℕ, Bool, List, bytes_eq, filter, map}
+use Rattle.std.specs.List.{list_any}
 use Rattle.desk_law.specs.Candidates.{tier_among}
 use Rattle.sms_construct.specs.declared.volume.VolumeDef.{VolumeDef}
-use Rattle.sms_volumes.specs.Viewing.{is_candidate}
 use Rattle.sms_volumes.specs.declared.active_group.ActiveGroup.{ActiveGroup}
 use Rattle.sms_volumes.specs.declared.active_volume.ActiveVolume.{ActiveVolume}
 use Rattle.sms_volumes.specs.declared.asked.Asked.{Asked}
-use Rattle.sms_volumes.specs.declared.candidates.Candidates.{Candidates}
 use Rattle.track_ledger.specs.Extents.{tracks_held}
 use Rattle.volume_lists.specs.declared.view.VolView.{VolView}
 
@@ -26,6 +25,10 @@ view_as asked volume group fits = record {
   tier = tier_among asked.tiers.now volume.volume.group;
 }
 
--- the candidates among these running volumes
-abbrev pub candidates_in_some : Candidates → List ActiveVolume → List VolumeDef
-candidates_in_some candidates volumes = filter (is_candidate candidates) (map (λ volume. volume.volume) volumes)
+-- the volume is one of these storage groups
+abbrev pub is_listed : List (List ℕ) → VolumeDef → Bool
+is_listed groups volume = list_any (bytes_eq volume.group) groups
+
+-- the volumes of these storage groups among these running ones
+abbrev pub listed_among : List (List ℕ) → List ActiveVolume → List VolumeDef
+listed_among groups volumes = filter (is_listed groups) (map (λ volume. volume.volume) volumes)
