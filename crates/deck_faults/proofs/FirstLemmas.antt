@@ -62,9 +62,6 @@ or_assoc : (a b c : Option Fault) → option_or (option_or a b) c ≡ option_or 
 or_assoc None b c = refl
 or_assoc (Some fault) b c = refl
 
-both_or : {a b c d : Option Fault} → a ≡ c → b ≡ d → option_or a b ≡ option_or c d
-both_or e f = ap (λ z. option_or z _) e ∙ ap (option_or _) f
-
 -- two lists, one behind the other, of which each begins so
 pub joined : (xs ys : List Fault) {a b : Option Fault} → first_in xs ≡ a → first_in ys ≡ b → first_in (xs ++ ys) ≡ option_or a b
 joined xs ys {a} {b} e f = first_append xs ys ∙ ap (λ z. option_or z (first_in ys)) e ∙ ap (option_or a) f
@@ -77,36 +74,36 @@ Leads survey walk = (path : List ℕ) (keys : Members) → first_in (survey path
 leads_alone : (walk : Walk) → Leads (first_alone walk) walk
 leads_alone walk path keys = of_alone (walk path keys)
 
-of_table : {survey : Survey} {walk : Walk} → Leads survey walk → (path : List ℕ) (t : Option Members) → first_in (table_faults survey path t) ≡ table_fault walk path t
-of_table h path None = refl
-of_table h path (Some keys) = h path keys
+of_table : (survey : Survey) (walk : Walk) → Leads survey walk → (path : List ℕ) (t : Option Members) → first_in (table_faults survey path t) ≡ table_fault walk path t
+of_table survey walk h path None = refl
+of_table survey walk h path (Some keys) = h path keys
 
 of_choice : (b : Bool) (faults : List Fault) (o : Option Fault) (fault : Fault) → first_in faults ≡ o → first_in (if b then faults else fault ∷ []) ≡ (if b then o else Some fault)
 of_choice true faults o fault e = e
 of_choice false faults o fault e = refl
 
-of_name : {survey : Survey} {walk : Walk} (is_name : List ℕ → Bool) → Leads survey walk → (path name : List ℕ) (value : Data)
-    → first_in (name_faults is_name survey path name value) ≡ name_fault is_name walk path name value
-of_name {survey} {walk} is_name h path name value =
-    of_choice (is_name name) (table_faults survey (below path name) (as_table value)) (table_fault walk (below path name) (as_table value)) (BadName (below path name)) (of_table h (below path name) (as_table value))
+of_name : (survey : Survey) (walk : Walk) (test : List ℕ → Bool) → Leads survey walk → (path name : List ℕ) (value : Data)
+    → first_in (name_faults test survey path name value) ≡ name_fault test walk path name value
+of_name survey walk test h path name value =
+    of_choice (test name) (table_faults survey (below path name) (as_table value)) (table_fault walk (below path name) (as_table value)) (BadName (below path name)) (of_table survey walk h (below path name) (as_table value))
 
-of_each : {survey : Survey} {walk : Walk} (is_name : List ℕ → Bool) → Leads survey walk → Leads (each_faults is_name survey) (each_fault is_name walk)
-of_each is_name h path no_members = refl
-of_each {survey} {walk} is_name h path (member name value others) =
-    joined (name_faults is_name survey path name value) (each_faults is_name survey path others) (of_name is_name h path name value) (of_each is_name h path others)
+of_each : (survey : Survey) (walk : Walk) (test : List ℕ → Bool) → Leads survey walk → Leads (each_faults test survey) (each_fault test walk)
+of_each survey walk test h path no_members = refl
+of_each survey walk test h path (member name value others) =
+    joined (name_faults test survey path name value) (each_faults test survey path others) (of_name survey walk test h path name value) (of_each survey walk test h path others)
 
-of_names : {survey : Survey} {walk : Walk} (limit : ℕ) (is_name : List ℕ → Bool) → Leads survey walk → Leads (names_faults limit is_name survey) (names limit is_name walk)
-of_names {survey} limit is_name h path keys =
-    joined (alone (limit_fault limit path keys)) (each_faults is_name survey path keys) (of_alone (limit_fault limit path keys)) (of_each is_name h path keys)
+of_names : (survey : Survey) (walk : Walk) (limit : ℕ) (test : List ℕ → Bool) → Leads survey walk → Leads (names_faults limit test survey) (names limit test walk)
+of_names survey walk limit test h path keys =
+    joined (alone (limit_fault limit path keys)) (each_faults test survey path keys) (of_alone (limit_fault limit path keys)) (of_each survey walk test h path keys)
 
-of_value : {survey : Survey} {walk : Walk} → Leads survey walk → (path : List ℕ) (t : Option Members) → first_in (table_faults survey path t) ≡ (if is_some t then walk_inside walk path t else Some (BadValue path))
-of_value h path None = refl
-of_value h path (Some keys) = h path keys
+of_value : (survey : Survey) (walk : Walk) → Leads survey walk → (path : List ℕ) (t : Option Members) → first_in (table_faults survey path t) ≡ (if is_some t then walk_inside walk path t else Some (BadValue path))
+of_value survey walk h path None = refl
+of_value survey walk h path (Some keys) = h path keys
 
-of_inner : {survey : Survey} {walk : Walk} (key : List ℕ) → Leads survey walk → (path : List ℕ) (keys : Members) (o : Option Data)
+of_inner : (survey : Survey) (walk : Walk) (key : List ℕ) → Leads survey walk → (path : List ℕ) (keys : Members) (o : Option Data)
     → first_in (inner_faults survey (below path key) o) ≡ row_fault path keys (inner key walk) o
-of_inner key h path keys None = refl
-of_inner key h path keys (Some value) = of_value h (below path key) (as_table value)
+of_inner survey walk key h path keys None = refl
+of_inner survey walk key h path keys (Some value) = of_value survey walk h (below path key) (as_table value)
 
 rows_append : (path : List ℕ) (keys : Members) (xs ys : List Row) → rows_fault path keys (xs ++ ys) ≡ option_or (rows_fault path keys xs) (rows_fault path keys ys)
 rows_append path keys [] ys = refl
@@ -118,7 +115,7 @@ rows_append path keys (row ∷ xs) ys =
 
 of_volumes : (path : List ℕ) (keys : Members) → first_in (inner_faults volumes_survey (below path (codes "volume")) (get_member (codes "volume") keys))
     ≡ row_fault path keys (inner (codes "volume") (names most_group_volumes is_volser volume_walk)) (get_member (codes "volume") keys)
-of_volumes path keys = of_inner (codes "volume") (of_names most_group_volumes is_volser (leads_alone volume_walk)) path keys (get_member (codes "volume") keys)
+of_volumes path keys = of_inner volumes_survey (names most_group_volumes is_volser volume_walk) (codes "volume") (of_names (first_alone volume_walk) volume_walk most_group_volumes is_volser (leads_alone volume_walk)) path keys (get_member (codes "volume") keys)
 
 leads_group : Leads group_survey (fixed_keys group_rows)
 leads_group path keys =
@@ -139,10 +136,10 @@ leads_construct version StorGrp path keys = leads_group path keys
 -- the top table
 
 of_constructs : (version : Version) (kind : Kind) (path : List ℕ) (top : Members) → first_in (constructs_faults version kind path top) ≡ row_fault path top (constructs_row version kind) (get_member (key_of kind) top)
-of_constructs version kind path top = of_inner (key_of kind) (of_names (most_constructs kind) is_name (leads_construct version kind)) path top (get_member (key_of kind) top)
+of_constructs version kind path top = of_inner (names_faults (most_constructs kind) is_name (construct_survey version kind)) (names (most_constructs kind) is_name (construct_walk version kind)) (key_of kind) (of_names (construct_survey version kind) (construct_walk version kind) (most_constructs kind) is_name (leads_construct version kind)) path top (get_member (key_of kind) top)
 
 of_routines : (path : List ℕ) (top : Members) → first_in (routine_faults path top) ≡ row_fault path top (inner (codes "routine") routine_walk) (get_member (codes "routine") top)
-of_routines path top = of_inner (codes "routine") (leads_alone routine_walk) path top (get_member (codes "routine") top)
+of_routines path top = of_inner (first_alone routine_walk) routine_walk (codes "routine") (leads_alone routine_walk) path top (get_member (codes "routine") top)
 
 nest : (u h a b c d e : Option Fault) → option_or (option_or (option_or (option_or (option_or (option_or u h) a) b) c) d) e
     ≡ option_or u (option_or h (option_or a (option_or b (option_or c (option_or d (option_or e None))))))
@@ -283,10 +280,13 @@ where_known b o e = rw e refl
 same_known : (kind : Kind) (top : Members) (routine : Option CheckedRoutine) → tables_fault top ≡ None → known_fault kind top routine ≡ assigned_fault kind top routine
 same_known kind top routine e = where_known (names_known kind top) (assigned_fault kind top routine) (all_known kind top e)
 
+four_same : {a b c d p q r s : Option Fault} → a ≡ p → b ≡ q → c ≡ r → d ≡ s → option_or a (option_or b (option_or c (option_or d None))) ≡ option_or p (option_or q (option_or r (option_or s None)))
+four_same e f g h = rw (e, f, g, h) refl
+
 of_known : (top : Members) (routines : Routines) → tables_fault top ≡ None → first_in (known_faults top routines) ≡ assigned_faults top routines
 of_known top routines e =
     of_four (known_fault DataClas top routines.dataclas) (known_fault StorClas top routines.storclas) (known_fault MgmtClas top routines.mgmtclas) (known_fault StorGrp top routines.storgrp)
-    ∙ rw (same_known DataClas top routines.dataclas e, same_known StorClas top routines.storclas e, same_known MgmtClas top routines.mgmtclas e, same_known StorGrp top routines.storgrp e) refl
+    ∙ four_same (same_known DataClas top routines.dataclas e) (same_known StorClas top routines.storclas e) (same_known MgmtClas top routines.mgmtclas e) (same_known StorGrp top routines.storgrp e)
 
 with_form : (form sources known assigned : Option Fault) → (form ≡ None → known ≡ assigned) → option_or (option_or form sources) known ≡ option_or form (option_or sources (option_or assigned None))
 with_form (Some x) sources known assigned h = refl

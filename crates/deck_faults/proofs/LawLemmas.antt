@@ -4,6 +4,7 @@ use Rattle.std.specs.Prelude.{◌↔◌, Option, Some, None}
 use Rattle.toml.specs.Data.{Members}
 use Rattle.sms_construct.specs.declared.fault.Fault.{Fault}
 use Rattle.sms_construct.specs.Configuration.{Configuration}
+use Rattle.desk_common.specs.Limits.{most_deck_bytes}
 use Rattle.deck_meaning.specs.Outcomes.{Outcomes, AreOutcomes, routines_in}
 use Rattle.deck_meaning.specs.Reading.{Configures, HasFirstFault, IsNotToml, IsTooLong, MeansTable, configuration_of, fault_of}
 use Rattle.deck_meaning.proofs.EitherLemmas.{either, Either}
@@ -48,8 +49,8 @@ valid (inl o) e = absurd (one_is_some o.faults_are e)
 valid {bytes} (inr t) e = (configuration_of bytes t.top (routines_in t.outcomes), table_configures t (none_first e (first_of_table t)))
 
 none_of_table : {bytes : List ℕ} {faults : List Fault} {config : Configuration} (t : HasTableFaults bytes faults) → Configures bytes config → (r : Option Fault) → fault_of t.top t.outcomes ≡ r → faults ≡ []
-none_of_table t c None e = nothing_first _ (first_of_table t ∙ e)
-none_of_table t c (Some fault) e = absurd (never_both c (table_first t fault e))
+none_of_table {faults = faults} t c None e = nothing_first faults (first_of_table t ∙ e)
+none_of_table {faults = faults} t c (Some fault) e = absurd (never_both c (table_first t fault e))
 
 none_found : {bytes : List ℕ} {faults : List Fault} {config : Configuration} → HasFaults bytes faults → Configures bytes config → faults ≡ []
 none_found (inl o) c = absurd (never_both c (one_first o.cause))
@@ -60,17 +61,20 @@ none_where h = ((λ e. valid h e), (λ c. none_found h c.1))
 
 -- each deck has one list
 
-table_faults_in : {bytes : List ℕ} (top : Members) (outcomes : Outcomes) → length bytes ≤ 262144 → MeansTable bytes top → AreOutcomes top outcomes → (faults : List Fault) × HasFaults bytes faults
+table_faults_in : {bytes : List ℕ} (top : Members) (outcomes : Outcomes) → length bytes ≤ most_deck_bytes → MeansTable bytes top → AreOutcomes top outcomes → (faults : List Fault) × HasFaults bytes faults
 table_faults_in top outcomes fits m a = (take 100 (faults_of top outcomes), inr (record { fits = fits; top = top; means = m; outcomes = outcomes; read = a; faults_are = refl }))
 
 one_fault_in : {bytes : List ℕ} {fault : Fault} → IsTooLong bytes fault ⊎ IsNotToml bytes fault → (faults : List Fault) × HasFaults bytes faults
 one_fault_in {bytes} {fault} c = (fault ∷ [], inl (record { fault = fault; cause = c; faults_are = refl }))
 
+some_first : {bytes : List ℕ} {fault : Fault} → HasFirstFault bytes fault → (faults : List Fault) × HasFaults bytes faults
+some_first (inl long) = one_fault_in (inl long)
+some_first (inr (inl none)) = one_fault_in (inr none)
+some_first (inr (inr f)) = table_faults_in f.top f.outcomes f.fits f.means f.read
+
 some_at : {bytes : List ℕ} → Either bytes → (faults : List Fault) × HasFaults bytes faults
 some_at (inl c) = table_faults_in c.1.top c.1.outcomes c.1.fits c.1.means c.1.read
-some_at (inr (fault, inl long)) = one_fault_in (inl long)
-some_at (inr (fault, inr (inl none))) = one_fault_in (inr none)
-some_at (inr (fault, inr (inr f))) = table_faults_in f.top f.outcomes f.fits f.means f.read
+some_at (inr f) = some_first f.1
 
 pub some_list : (bytes : List ℕ) → (faults : List Fault) × HasFaults bytes faults
 some_list bytes = some_at (either bytes)

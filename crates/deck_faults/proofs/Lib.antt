@@ -1,3 +1,4 @@
 pub mod FirstLemmas
 pub mod LawLemmas
+pub mod ReadLemmas
 pub mod TellingLemmas

@@ -47,7 +47,10 @@ fn has_unknown_at(top: &Table, path: &Path) -> bool
     ensures { result ≡ is_some (unknown_fault path.now
         (map (λ row. row.key) (top_rows (version_of (table_view top.now)))) (table_view top.now)) }
 {
-    check_keys(top, &TOP_KEYS, path).is_err()
+    match check_keys(top, &TOP_KEYS, path) {
+        Ok(()) => false,
+        Err(_) => true,
+    }
 }
 
 fn has_unknown(top: &Table) -> bool

@@ -60,7 +60,10 @@ fn is_unversioned_at(top: &Table, path: &Path) -> bool
     ensures { result ≡ is_some (row_fault path.now (table_view top.now) version_row
         (get_member (codes "version") (table_view top.now))) }
 {
-    check_version(top, path).is_err()
+    match check_version(top, path) {
+        Ok(()) => false,
+        Err(_) => true,
+    }
 }
 
 // The version by which the tables are read here.
