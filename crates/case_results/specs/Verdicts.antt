@@ -33,18 +33,19 @@ verdict_in expected classes =
 abbrev pub verdict_of : Configuration → Case → Verdict
 verdict_of config case = verdict_in case.expect (classes_for config case)
 
--- the case passes, fails, or nothing is expected of it
-
+-- the case passes
 abbrev pub is_passed : Verdict → Bool
 is_passed Passed = true
 is_passed Failed = false
 is_passed Unjudged = false
 
+-- the case fails
 abbrev pub is_failed : Verdict → Bool
 is_failed Passed = false
 is_failed Failed = true
 is_failed Unjudged = false
 
+-- nothing is expected of the case
 abbrev pub is_unjudged : Verdict → Bool
 is_unjudged Passed = false
 is_unjudged Failed = false

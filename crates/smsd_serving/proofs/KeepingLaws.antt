@@ -81,7 +81,7 @@ exchanges_push {P} before epoch = flat_map-append (λ (e : Epoch P). e.exchanges
 
 module _ {P : Type 0} (told : P → Option Rows) (count : P → ℕ) where
   turn_more : (keeper : P) (place : ℕ) (before : List (Epoch P)) (left : P) (end : ℕ) (epoch : Epoch P) → AreInTurn told count keeper place before left end → IsEpoch told count left end epoch → AreInTurn told count keeper place (before ++ epoch ∷ []) epoch.core.keeper (last_place epoch.core)
-  turn_more keeper place [] left end epoch h e = let e' : IsEpoch told count keeper place epoch = rw (h.0, h.1) at e in (e', refl, refl)
+  turn_more keeper place [] left end epoch h e = let e' : IsEpoch told count keeper place epoch = rw (h.0, h.1) at e in (e', (refl, refl))
   turn_more keeper place (x ∷ before) left end epoch h e = (h.0, turn_more x.core.keeper (last_place x.core) before left end epoch h.1 e)
 
   -- the keeper that was handed in is handed back

@@ -11,7 +11,7 @@ use Rattle.acs_test.specs.declared.case.Case.{Case}
 use Rattle.acs_test.specs.declared.cases.Cases.{Cases}
 use Rattle.case_results.specs.Results.{failed_in}
 use Rattle.tool_calls.specs.DeckText.{refused_text}
-use Rattle.tool_calls.specs.TestText.{IsCasesTest, IsTest, IsTestUnder, TellsResults, test_status, judged, unjudged}
+use Rattle.tool_calls.specs.TestText.{IsCasesTest, IsTest, IsTestUnder, TellsResults, test_status, cases_tested, cases_refused}
 use Rattle.tool_calls.specs.TestText.{configured, unconfigured, table_judged, table_refused}
 use Rattle.tool_calls.proofs.ScriptLemmas.{IsEnd}
 use Rattle.tool_calls.specs.declared.status.ToolStatus.{ToolStatus}
@@ -30,8 +30,8 @@ results_end : {config : Configuration} {fail : Bool} {format : Format} {cases : 
 results_end {config} {fail} {cases = cases} {status = status} tells = status_ends fail (failed_in config cases) status tells.status_is
 
 pub test_ends : {bytes : List ℕ} {fail : Bool} {format : Format} {status : ToolStatus} {text : List ℕ} → IsTest bytes fail format status text → IsEnd status
-test_ends (judged cases status text reads tells) = results_end tells
-test_ends (unjudged err refuses) = inr refl
+test_ends (cases_tested cases status text reads tells) = results_end tells
+test_ends (cases_refused err refuses) = inr refl
 
 under_ends : {deck : List ℕ} {fail : Bool} {format : Format} {cases : List Case} {status : ToolStatus} {text : List ℕ} → IsTestUnder deck fail format cases status text → IsEnd status
 under_ends (configured config status text configures tells) = results_end tells
@@ -49,9 +49,6 @@ module _ (deck : List ℕ) (fail : Bool) (format : Format) (cases : List Case) w
   configured_told config (Ok found) configures tells = configured config found.0 found.1 configures tells
   configured_told config (Err err) configures tells = tt
 
-  pub unconfigured_told : {E : Type 0} (fault : Fault) (made : Result (ToolStatus × List ℕ) E) → HasFirstFault deck fault → IfOk made (λ found. (found.0 ≡ FaultFound) × (found.1 ≡ refused_text fault))
-      → IfOk made (λ found. IsTestUnder deck fail format cases found.0 found.1)
-  unconfigured_told fault (Ok found) faulty e =
-      subst (λ x. IsTestUnder deck fail format cases x found.1) (sym e.0)
-      (subst (λ x. IsTestUnder deck fail format cases FaultFound x) (sym e.1) (unconfigured fault faulty))
-  unconfigured_told fault (Err err) faulty e = tt
+pub unconfigured_told : {deck text : List ℕ} {fail : Bool} {format : Format} {cases : List Case} {status : ToolStatus} {fault : Fault} → HasFirstFault deck fault → (status ≡ FaultFound) × (text ≡ refused_text fault) → IsTestUnder deck fail format cases status text
+unconfigured_told {deck} {text} {fail} {format} {cases} {status} {fault} faulty e =
+    subst (λ x. IsTestUnder deck fail format cases x text) (sym e.0) (subst (λ x. IsTestUnder deck fail format cases FaultFound x) (sym e.1) (unconfigured fault faulty))

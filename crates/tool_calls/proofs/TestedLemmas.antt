@@ -9,7 +9,7 @@ use Rattle.acs_test.specs.declared.cases_err.CasesErr.{CasesErr}
 use Rattle.acs_test.specs.declared.cases_err.CasesErr.TheVariants as cases_errs
 use Rattle.desk_common.specs.Exact.{MayRefuse}
 use Rattle.tool_calls.specs.CasesText.{TellsCases}
-use Rattle.tool_calls.specs.TestText.{IsCasesTest, IsTest, IsTestUnder, TellsResults, judged, table_judged, table_refused, unjudged}
+use Rattle.tool_calls.specs.TestText.{IsCasesTest, IsTest, IsTestUnder, TellsResults, cases_tested, table_judged, table_refused, cases_refused}
 use Rattle.tool_calls.specs.ToolText.{IsAnswer, tested}
 use Rattle.tool_calls.specs.declared.status.ToolStatus.{ToolStatus}
 use Rattle.tool_calls.specs.declared.status.ToolStatus.TheVariants.{FaultFound}
@@ -26,14 +26,14 @@ module _ (bytes : List ℕ) (fail : Bool) (format : Format) where
 
   judges : {E : Type 0} (cases : Cases) (made : Result (ToolStatus × List ℕ) E) → IsReading bytes cases → IfOk made (λ found. TellsResults cases.after fail format cases.list found.0 found.1)
       → IfOk made (λ found. IsTest bytes fail format found.0 found.1)
-  judges cases (Ok found) read tells = judged cases found.0 found.1 read tells
+  judges cases (Ok found) read tells = cases_tested cases found.0 found.1 read tells
   judges cases (Err err) read tells = tt
 
   refuses : {E : Type 0} (err : CasesErr) (made : Result (ToolStatus × List ℕ) E) → MayRefuse (IsRefusal bytes) (Some cases_errs.NoMemory) err → IfOk made (λ found. (found.0 ≡ FaultFound) × TellsCases err found.1)
       → IfOk made (λ found. IsTest bytes fail format found.0 found.1)
   refuses err (Ok found) is e =
       subst (λ x. IsTest bytes fail format x found.1) (sym e.0)
-      (told_as (IsRefusal bytes) (IsTest bytes fail format FaultFound) unjudged found.1 err is e.1)
+      (told_as (IsRefusal bytes) (IsTest bytes fail format FaultFound) cases_refused found.1 err is e.1)
   refuses err (Err want) is e = tt
 
   pub judged_told : {E : Type 0} (cases : Cases) (made : Result (ToolStatus × List ℕ) E) → IsReading bytes cases → IfOk made (λ found. TellsResults cases.after fail format cases.list found.0 found.1)

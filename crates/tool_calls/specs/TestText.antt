@@ -28,9 +28,9 @@ pub record TellsResults (config : Configuration) (fail : Bool) (format : Format)
 -- what a test of an input comes to that is laid out for a comparison: the results of its cases under the new deck, or
 -- the line of its refusal
 pub data IsTest (bytes : List ℕ) (fail : Bool) (format : Format) : ToolStatus → List ℕ → Type 0 where
-  judged : (cases : Cases) (status : ToolStatus) (text : List ℕ) → IsReading bytes cases →
+  cases_tested : (cases : Cases) (status : ToolStatus) (text : List ℕ) → IsReading bytes cases →
       TellsResults cases.after fail format cases.list status text → IsTest bytes fail format status text
-  unjudged : (err : CasesErr) → IsRefusal bytes err → IsTest bytes fail format FaultFound (cases_fault_text err)
+  cases_refused : (err : CasesErr) → IsRefusal bytes err → IsTest bytes fail format FaultFound (cases_fault_text err)
 
 -- what a test of these cases under a deck comes to: their results, or the line of the deck's fault
 pub data IsTestUnder (deck : List ℕ) (fail : Bool) (format : Format) (cases : List Case)

@@ -69,6 +69,7 @@ pub fn tested_parts(
 }
 
 // The results of these cases under the deck.
+#[tactic(auto, using(crate::proofs::TestLemmas::unconfigured_told))]
 fn tested_under(
     alloc: Global,
     fail: bool,

@@ -3,8 +3,7 @@ use Rattle.std.proofs.Common.{◌≡◌, ℕ, true, false, List, [], codes, refl
 use Rattle.std.specs.Prelude.{None, Some, bytes_eq, filter, map}
 use Rattle.std.specs.List.{list_any}
 use Rattle.desk_common.specs.Steps.{◌⊳◌}
-use Rattle.desk_law.specs.Activation.{activated}
-use Rattle.desk_law.specs.Allocation.{Wish, alloc_case, ask_of as primary_of, candidates_of, data_class_of, space_case}
+use Rattle.desk_law.specs.Allocation.{Wish, ask_of as primary_of, candidates_of, data_class_of, space_case}
 use Rattle.desk_law.specs.Allocation.{space_of, wish_with}
 use Rattle.desk_law.specs.Candidates.{Ask, view_of, want_of}
 use Rattle.desk_law.specs.Classification.{Classes, answer_of, classes_of}
@@ -20,7 +19,7 @@ use Rattle.sms_construct.specs.declared.stop.Stop.{Stop}
 use Rattle.sms_construct.specs.declared.stop.Stop.TheVariants as stops
 use Rattle.sms_volumes.specs.Holding.{AreVolumesOf, StandForSome}
 use Rattle.sms_volumes.specs.declared.active_volumes.ActiveVolumes.{ActiveVolumes}
-use Rattle.volume_reasons.specs.EmptyDesk.{empty_under, views_of, wanted_by}
+use Rattle.volume_reasons.specs.EmptyDesk.{empty_under}
 use Rattle.volume_reasons.specs.Explained.{case_text, volumes_text}
 use Rattle.volume_reasons.specs.Inner.Stops.{is_done}
 use Rattle.volume_reasons.specs.VolumesText.{views_text}

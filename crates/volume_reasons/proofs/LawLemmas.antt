@@ -1,9 +1,9 @@
 -- What the law says of candidates as they are told.
-use Rattle.std.proofs.Common.{◌≡◌, ◌<◌, ◌+◌, ◌*◌, ℕ, Bool, true, false, List, refl, sym, ap, ◌∙◌, subst, inl, inr, arith}
-use Rattle.std.specs.Prelude.{◌&&◌, ◌⊎◌, not, nat_le, nat_lt, Option, None, Some, Result, Ok, Err, MatchResult, slice_get, if◌then◌else◌}
-use Rattle.std.specs.List.{list_all, list_any}
+use Rattle.std.proofs.Common.{◌≡◌, ◌<◌, ◌+◌, ◌*◌, ℕ, Bool, true, false, List, refl, sym, ◌∙◌, subst, inl, inr, arith}
+use Rattle.std.specs.Prelude.{◌&&◌, not, nat_le, nat_lt, None, Some, Result, Ok, Err, MatchResult, slice_get, if◌then◌else◌}
+use Rattle.std.specs.List.{list_any}
 use Rattle.std.proofs.lemmas.Bool.Decides.{nat_tests}
-use Rattle.desk_law.specs.Allocation.{AllocRule, GrantRule, Wish, alloc_case, ask_of, candidates_of}
+use Rattle.desk_law.specs.Allocation.{AllocRule, GrantRule, Wish, alloc_case}
 use Rattle.desk_law.specs.Classification.{trace_of}
 use Rattle.desk_law.specs.Replies.{Leaves}
 use Rattle.desk_law.specs.State.{DeskState}

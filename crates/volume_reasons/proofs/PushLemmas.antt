@@ -1,5 +1,5 @@
 -- What is told of candidates, from its parts.
-use Rattle.std.proofs.Common.{◌≡◌, ◌++◌, ℕ, Bool, List, [], ◌∷◌, refl, sym, ap, ap₂, ◌∙◌}
+use Rattle.std.proofs.Common.{◌≡◌, ◌++◌, ℕ, Bool, List, [], ◌∷◌, refl, ap, ap₂, ◌∙◌}
 use Rattle.std.specs.Prelude.{◌==◌, flat_map}
 use Rattle.sms_explain.proofs.ExplanationLemmas.{in_three}
 use Rattle.volume_lists.specs.declared.view.VolView.{VolView}

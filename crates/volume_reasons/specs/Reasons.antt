@@ -1,6 +1,6 @@
 -- Why a candidate volume doesn't stand in the primary list, and whether it may be chosen (docs/manual/rules.md, "The
 -- lists").
-use Rattle.std.specs.Prelude.{ℕ, ◌≡◌, ◌<◌, ◌+◌, ◌*◌, Bool, true, false, not, ◌&&◌, List, Option, None, Some}
+use Rattle.std.specs.Prelude.{◌≡◌, ◌<◌, ◌+◌, ◌*◌, Bool, true, false, not, ◌&&◌, List, Option, None, Some}
 use Rattle.std.specs.Prelude.{if◌then◌else◌}
 use Rattle.std.specs.List.{list_all, list_any}
 use Rattle.volume_lists.specs.Choice.{is_earlier, is_rejected}

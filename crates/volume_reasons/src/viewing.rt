@@ -13,6 +13,7 @@ ghost use Rattle.sms_volumes.specs.declared.active_volume.ActiveVolume.{ActiveVo
 ghost use Rattle.volume_reasons.specs.Inner.Views.{is_listed, listed_among, view_as};
 
 use dsn_mask::Name;
+use sms_construct::VolumeDef;
 use sms_volumes::{ActiveGroup, ActiveVolume, ActiveVolumes, Asked};
 use std::alloc::{AllocError, Global};
 use volume_lists::VolView;
@@ -52,7 +53,7 @@ fn look_at(
         views.new.items ≡ views.old.items ++
         map (view_of s (ask_of asked.now)) (listed_among groups.now (volume ∷ []))) }
 {
-    if !is_listed(groups, volumes.volumes[place].volume.group.bytes()) {
+    if !is_listed(groups, &volumes.volumes[place].volume) {
         return Ok(());
     }
     let Some(view) = view_at(volumes, place, asked) else {
@@ -62,7 +63,13 @@ fn look_at(
     Ok(())
 }
 
-fn is_listed(groups: &[Name], name: &[u8]) -> bool
+fn is_listed(groups: &[Name], volume: &VolumeDef) -> bool
+    ensures { result ≡ is_listed groups.now volume.now }
+{
+    is_among(groups, volume.group.bytes())
+}
+
+fn is_among(groups: &[Name], name: &[u8]) -> bool
     ensures { result ≡ list_any (bytes_eq name.now) groups.now }
 {
     groups.iter().any(|group| name == group.bytes())

@@ -9,7 +9,7 @@ pub returns-in-Ok : goal.returns-in-Ok
 returns-in-Ok c =
     let made = c.in-Ok.cases in
     judged_told c.args.bytes.now c.args.fail c.args.format made c.results_in.result c.in-Ok.ensures.ok
-    (subst (λ (cases : List Case). IfOk c.results_in.result (λ found. TellsResults made.after c.args.fail c.args.format cases found.0 found.1)) c.as_slice-2.ensures c.results_in.ensures)
+    (subst (λ (cases : List Case). IfOk c.results_in.result (λ found. TellsResults made.after c.args.fail c.args.format cases found.0 found.1)) c.as_slice-in-Ok.ensures c.results_in.ensures)
 
 pub returns-in-Err : goal.returns-in-Err
 returns-in-Err c = refused_told c.args.bytes.now c.args.fail c.args.format c.in-Err.err c.told.result c.in-Err.ensures.err c.told.ensures

@@ -9,7 +9,7 @@ pub returns-in-Ok : goal.returns-in-Ok
 returns-in-Ok c =
     let deck = c.args.parts.deck.now in
     table_told deck c.args.parts.table.now c.args.fail c.args.format c.in-Ok.cases c.tested_under.result c.in-Ok.ensures.ok
-    (subst (λ (cases : List Case). IfOk c.tested_under.result (λ found. IsTestUnder deck c.args.fail c.args.format cases found.0 found.1)) c.as_slice-2.ensures c.tested_under.ensures)
+    (subst (λ (cases : List Case). IfOk c.tested_under.result (λ found. IsTestUnder deck c.args.fail c.args.format cases found.0 found.1)) c.as_slice-in-Ok.ensures c.tested_under.ensures)
 
 pub returns-in-Err : goal.returns-in-Err
 returns-in-Err c = table_fault_told c.args.parts.deck.now c.args.parts.table.now c.args.fail c.args.format c.in-Err.err c.told.result c.in-Err.ensures.err c.told.ensures

@@ -16,7 +16,7 @@ returns-in_ok-push_listed-in-Some c = λ classes same.
     let asked = c.asked_for-asked.result in
     let there : space_of alloc (data_class_of config classes.values.dataclas) ≡ Some c.in-Some.space =
     ap (λ (v : Values). space_of alloc (data_class_of config v.dataclas)) same ∙ sym (ap (space_of alloc) c.data_class_of.ensures) ∙ sym c.space_of.ensures ∙ c.in-Some.is in
-    c.in_ok-push_listed.ensures (empty_under config) (lawful-empty config c.deck-deck.ensures.form) c.requires.stand
+    c.in_ok-push_listed-in-Some.ensures (empty_under config) (lawful-empty config c.deck-deck.ensures.form) c.requires.stand
     ∙ ap (λ (l : List ℕ). c.args.text.now.items ++ l)
     (wish-text config alloc classes c.in-Some.space c.as_slice-groups.result.now (ask_of asked) there (c.as_slice-groups.ensures.names ∙ sym (ap (λ (v : Values). v.groups) same)) (c.asked_for-asked.ensures.value classes same))
 
@@ -26,4 +26,4 @@ returns-in_ok-extend_from_slice-in-None c = λ classes same.
     let alloc = c.args.allocation.now in
     let none : space_of alloc (data_class_of config classes.values.dataclas) ≡ None =
     ap (λ (v : Values). space_of alloc (data_class_of config v.dataclas)) same ∙ sym (ap (space_of alloc) c.data_class_of.ensures) ∙ sym c.space_of.ensures ∙ c.in-None.is in
-    c.in_ok-extend_from_slice.ensures.items ∙ ap (λ (l : List ℕ). c.args.text.now.items ++ l) (sym (spaceless-text config alloc classes none))
+    c.in_ok-extend_from_slice-in-None.ensures.items ∙ ap (λ (l : List ℕ). c.args.text.now.items ++ l) (sym (spaceless-text config alloc classes none))

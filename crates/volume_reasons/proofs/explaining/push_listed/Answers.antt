@@ -1,6 +1,4 @@
 use Rattle.std.proofs.Common.{◌++◌, ◌∙◌, ℕ, List, ap, ap₂}
-use Rattle.desk_law.specs.Candidates.{view_of, want_of}
-use Rattle.sms_volumes.specs.Asking.{ask_of}
 use Rattle.volume_reasons.specs.VolumesText.{views_text}
 use Rattle.volume_reasons.proofs.explaining.push_listed.Goals as goal
 
