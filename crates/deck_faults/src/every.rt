@@ -95,7 +95,7 @@ fn faults_told(alloc: Global, deck: &[u8]) -> Result<Vec<Fault>, AllocError>
 
 /// The faults of a deck, of each table and each routine the first, in the order in which `read_deck` of sms_deck looks
 /// for its one; 100 at most, and none where the deck is a configuration (docs/manual/tool.md, "Every fault of a deck").
-/// A fault that only follows from another isn't among them.
+/// What follows from a fault in the same table, a wrong version or an unknown key isn't among them.
 pub fn every_fault(alloc: Global, deck: &[u8]) -> Result<Items<Fault>, AllocError>
     ensures faults { IfOk result (HasFaults deck.now) }
     ensures few { IfOk result (λ faults. length faults ≤ most_faults) }
