@@ -1,5 +1,5 @@
 -- The routines of a deck, and all its faults, as they are told one by one.
-use Rattle.std.proofs.Common.{◌≡◌, ◌≤◌, ◌<◌, ℕ, List, [], ◌∷◌, ◌++◌, length, take, min, inl, inr, refl, sym, ◌∙◌, ap, subst, arith}
+use Rattle.std.proofs.Common.{◌≡◌, ◌⊎◌, ◌≤◌, ◌<◌, ℕ, List, [], ◌∷◌, ◌++◌, length, take, min, inl, inr, refl, sym, ◌∙◌, ap, subst, arith}
 use Rattle.std.specs.Prelude.{Option, Some, None, codes}
 use Rattle.std.proofs.lemmas.List.{length-take}
 use Rattle.toml.specs.Data.{Members}
@@ -17,7 +17,7 @@ use Rattle.desk_common.specs.Limits.{most_deck_bytes}
 use Rattle.deck_meaning.specs.Limits.{most_routine_bytes}
 use Rattle.deck_meaning.specs.Outcomes.{Absent, Faulty, IsFaulty, IsOutcomeOf, Long, Outcomes, Sound, routines_in, sound_in}
 use Rattle.deck_meaning.specs.Outcomes.{source_fault, source_of, text_fault_of}
-use Rattle.deck_meaning.specs.Reading.{MeansTable}
+use Rattle.deck_meaning.specs.Reading.{IsNotToml, IsTooLong, MeansTable}
 use Rattle.deck_meaning.proofs.OutcomeLemmas.{comes_long, comes_none, comes_sound}
 use Rattle.deck_faults.specs.Faults.{HasFaults, HasTableFaults, faults_of, form_faults, known_faults, sources_faults}
 use Rattle.deck_faults.specs.Survey.{alone}
@@ -87,6 +87,10 @@ table_told {top = top} fits means tells = record {
   read = tells.read;
   faults_are = tells.told ∙ told_from_none (faults_of top tells.outcomes);
 }
+
+-- a deck that can't be read has one fault
+pub one_told : {bytes : List ℕ} {fault : Fault} {faults : List Fault} → IsTooLong bytes fault ⊎ IsNotToml bytes fault → faults ≡ fault ∷ [] → HasFaults bytes faults
+one_told {fault = fault} cause e = inl (record { fault = fault; cause = cause; faults_are = e })
 
 few_front : (xs : List Fault) → length (take 100 xs) ≤ 100
 few_front xs = let e = length-take 100 xs in omega (arith, e)

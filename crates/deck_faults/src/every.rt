@@ -1,18 +1,19 @@
 //! Every fault of a deck.
-ghost use Rattle.std.specs.Prelude.{◌≡◌, ◌≤◌, ◌∷◌, [], IfOk, OnOk, length};
+ghost use Rattle.std.specs.Prelude.{◌≡◌, ◌≤◌, ◌∷◌, [], IfErr, IfOk, OnOk, length};
 ghost use Rattle.toml.specs.Data.{no_members};
 ghost use Rattle.toml.specs.View.{table_view};
 ghost use Rattle.desk_common.specs.Limits.{most_deck_bytes};
 ghost use Rattle.deck_meaning.specs.Reading.{MeansTable};
 ghost use Rattle.deck_faults.specs.Faults.{HasFaults, HasTableFaults, form_faults};
 ghost use Rattle.deck_faults.specs.Limits.{most_faults};
-ghost use Rattle.deck_faults.specs.Inner.Telling.{TellFaults, put_all};
+ghost use Rattle.deck_faults.specs.Inner.Telling.{TellFaults, TellsUnread, put_all};
 
 use crate::places::{check_total, places_of, tell_twice};
 use crate::rows::table_or;
 use crate::sources::{read_sources, tell_assigned};
 use crate::telling::{tell, tell_first};
 use crate::top_table::tell_tables;
+use deck_meaning::DeckErr;
 use desk_common::{Items, MAX_DECK};
 use sms_construct::{Fault, Path};
 use std::alloc::{AllocError, Global};
@@ -65,23 +66,36 @@ fn one_fault(alloc: Global, fault: Fault) -> Result<Vec<Fault>, AllocError>
     Ok(told)
 }
 
+// The table of a deck, or why it can't be read as one.
+fn read_top(alloc: Global, deck: &[u8]) -> Result<Table, DeckErr>
+    ensures means { IfOk result (λ top. MeansTable deck.now (table_view top)) }
+    ensures fits { IfOk result (λ _. length deck.now ≤ most_deck_bytes) }
+    ensures err { IfErr result (TellsUnread deck.now) }
+{
+    if deck.len() > MAX_DECK {
+        return Err(DeckErr::Fault(Fault::TooMany(Path::new(b"deck"))));
+    }
+    match toml::table_from_slice(alloc, deck) {
+        Ok(top) => Ok(top),
+        Err(error) if error.is_memory() => Err(DeckErr::NoMemory),
+        Err(_) => Err(DeckErr::Fault(Fault::NotToml)),
+    }
+}
+
 // The faults of a deck.
 fn faults_told(alloc: Global, deck: &[u8]) -> Result<Vec<Fault>, AllocError>
     ensures { IfOk result (λ told. HasFaults deck.now told.items) }
 {
-    if deck.len() > MAX_DECK {
-        return one_fault(alloc, Fault::TooMany(Path::new(b"deck")));
-    }
-    match toml::table_from_slice(alloc, deck) {
+    match read_top(alloc, deck) {
         Ok(top) => table_faults(alloc, deck, &top),
-        Err(error) if error.is_memory() => Err(AllocError),
-        Err(_) => one_fault(alloc, Fault::NotToml),
+        Err(DeckErr::Fault(fault)) => one_fault(alloc, fault),
+        Err(DeckErr::NoMemory) => Err(AllocError),
     }
 }
 
 /// The faults of a deck, of each table and each routine the first, in the order in which `read_deck` of sms_deck looks
 /// for its one; 100 at most, and none where the deck is a configuration (docs/manual/tool.md, "Every fault of a deck").
-/// A fault that only follows from another isn't among them.
+/// What follows from a fault in the same table, a wrong version or an unknown key isn't among them.
 pub fn every_fault(alloc: Global, deck: &[u8]) -> Result<Items<Fault>, AllocError>
     ensures faults { IfOk result (HasFaults deck.now) }
     ensures few { IfOk result (λ faults. length faults ≤ most_faults) }

@@ -1,11 +1,14 @@
 -- Faults that are told one by one, while there is room.
-use Rattle.std.specs.Prelude.{◌≡◌, ℕ, List, [], ◌∷◌, ◌++◌, Option, length, nat_lt, if◌then◌else◌}
+use Rattle.std.specs.Prelude.{◌≡◌, ◌⊎◌, ℕ, List, [], ◌∷◌, ◌++◌, Option, length, nat_lt, if◌then◌else◌}
 use Rattle.toml.specs.Data.{Members}
 use Rattle.acs_tree.specs.declared.kind.Kind.{Kind}
 use Rattle.acs_tree.specs.CheckedRoutine.{CheckedRoutine}
 use Rattle.sms_construct.specs.declared.fault.Fault.{Fault}
 use Rattle.sms_construct.specs.Configuration.{Routines}
 use Rattle.deck_meaning.specs.Outcomes.{Outcome, Outcomes, AreOutcomes, IsOutcomeOf, routines_in, sound_in, source_fault}
+use Rattle.deck_meaning.specs.Reading.{IsNotToml, IsTooLong}
+use Rattle.deck_meaning.specs.declared.deck_err.DeckErr.{DeckErr}
+use Rattle.deck_meaning.specs.declared.deck_err.DeckErr.TheVariants.{Fault as Faulted, NoMemory}
 use Rattle.deck_faults.specs.Limits.{most_faults}
 use Rattle.deck_faults.specs.Survey.{alone}
 use Rattle.deck_faults.specs.Faults.{faults_of, sources_faults}
@@ -18,6 +21,11 @@ put told fault = if nat_lt (length told) most_faults then told ++ fault ∷ [] e
 abbrev pub put_all : List Fault → List Fault → List Fault
 put_all told [] = told
 put_all told (fault ∷ faults) = put_all (put told fault) faults
+
+-- the refusal of bytes that can't be read as a table of a deck
+abbrev pub TellsUnread : List ℕ → DeckErr → Type 0
+TellsUnread bytes (Faulted fault) = IsTooLong bytes fault ⊎ IsNotToml bytes fault
+TellsUnread bytes NoMemory = Unit {0}
 
 -- the text of a routine comes to this routine or to none, and its fault is told
 pub record IsReadAs (kind : Kind) (source : Option (List ℕ)) (before after : List Fault) (routine : Option CheckedRoutine) : Type 0 where
