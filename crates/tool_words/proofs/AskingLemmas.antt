@@ -1,6 +1,6 @@
 -- What the kinds of a refusal say, and what a subcommand asks for.
 use Rattle.std.proofs.Common.{◌≡◌, refl, ap, ◌∙◌, sym, subst, ℕ, List, [], ◌∷◌, Bool, true, false, not, ◌&&◌, Option}
-use Rattle.std.proofs.Common.{Some, None, codes, inl, inr, ◌⊎◌, ◌++◌, ◌==◌, if◌then◌else◌}
+use Rattle.std.proofs.Common.{Some, None, codes, inl, inr, ◌⊎◌, ◌++◌, ◌==◌}
 use Rattle.std.specs.Prelude.{Result, Ok, Err, IfOk, IfErr, MatchOption, MatchResult, bytes_eq, option_and_then}
 use Rattle.std.specs.List.{list_all}
 use Rattle.std.proofs.lemmas.Bool.{cases_Bool, and_parts, eqb-true}

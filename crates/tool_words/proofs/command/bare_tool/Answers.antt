@@ -1,5 +1,5 @@
 use Rattle.std.proofs.Common.{ap, true, ◌∙◌}
-use Rattle.clap.specs.Words.{App, app_of}
+use Rattle.clap.specs.Words.{App}
 use Rattle.tool_words.proofs.command.bare_tool.Goals as goal
 
 abbrev set : App → App
