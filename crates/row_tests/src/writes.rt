@@ -17,7 +17,7 @@ static BEFORE: [(&str, &str); 7] = [
     ("dy", "1"),
 ];
 
-const BEHIND: &str = "b2=1 c=5 a=2 e=1 ";
+const BEHIND: &str = "a=2 b2=1 c=5 e=1 ";
 
 fn rows(alloc: Global) -> Result<Vec<Row>, AllocError> {
     let mut rows = Vec::new(alloc);
